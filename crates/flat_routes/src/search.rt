@@ -1,17 +1,35 @@
 //! Searches in an image. Each is total: whatever the bytes are, it ends, and reads none but them.
-ghost use Rattle.std.specs.Prelude.{◌≡◌, ◌+◌, ◌-◌, ◌/◌, ◌^◌, ◌<◌, ◌≤◌, ℕ, length, slice_index};
+ghost use Rattle.std.specs.Prelude.{◌≡◌, ◌+◌, ◌-◌, ◌/◌, ◌^◌, ◌<◌, ◌≤◌, ℕ, SomeIff, length, min, slice_index};
 ghost use Rattle.sorted_tables.specs.Tables.{IsPartedAt};
 ghost use Rattle.flat_routes.specs.SpanLaws.{AreCounted, IsCountedBy};
 ghost use Rattle.frozen_routes.specs.Routes.{IsLastAround, IsLastHolder, IsLongestRow};
 ghost use Rattle.flat_routes.specs.Images.{AreLinkedTo, IsImage, IsPlanOf, IsRowPlan, bases, found_row, image_rows, links, sizes, start_in, width};
 
 use crate::columns::Rows;
-use crate::head::{Plan, RowPlan};
+use crate::head::{CellPlan, Plan, RowPlan};
 use crate::rows::{bits_at, bits_of, link_at};
 use crate::spans::{Spans, answer_at, cell_at, start_at};
 use crate::turns::Begun;
 use sorted_columns::count_in_front;
 use std::hint::select_unpredictable;
+
+/// The block that an address lies in, the last one behind it, or None in front of the first. Where
+/// 64 bits count both addresses, as those of IPv4, it takes no arithmetic of more.
+#[inline(always)]
+fn block_at(wide: bool, cells: CellPlan, last: usize, number: u128) -> Option<usize>
+    requires rest { cells.rest < 128 }
+    ensures { SomeIff result (cells.low ≤ number)
+        (min ((number - cells.low) / 2 ^ cells.rest) last) }
+{
+    if !wide && cells.rest < 64 {
+        if let (Ok(number), Ok(low)) = (u64::try_from(number), u64::try_from(cells.low)) {
+            let behind = number.checked_sub(low)?;
+            return Some((behind >> cells.rest).min(last as u64) as usize);
+        }
+    }
+    let behind = number.checked_sub(cells.low)?;
+    Some((behind >> cells.rest).min(last as u128) as usize)
+}
 
 /// Between which counts that of the spans lies that begin by an address: those that begin by the
 /// first address of its block, and by the first one of the next block. In front of the first block
@@ -30,10 +48,9 @@ fn block_of(image: &[u8], wide: bool, plan: Plan, number: u128) -> (usize, usize
     let Some(last) = cells.count.checked_sub(1) else {
         return (0, spans);
     };
-    let Some(behind) = number.checked_sub(cells.low) else {
+    let Some(block) = block_at(wide, cells, last, number) else {
         return (0, spans.min(cell_at(image, cells, 0) + 1));
     };
-    let block = (behind >> cells.rest).min(last as u128) as usize;
     let from = cell_at(image, cells, block) + 1;
     let to = if block == last {
         spans

@@ -37,7 +37,8 @@ pub const PROGRAMS: [&str; 4] = ["line_sessions", "whole_files", "trie_tool", "r
 pub const TESTS: [&str; 2] = ["trie_tests", "trie_examples"];
 /// What rustc may not say of text that is proved, and what it has to: that a call is too new, or
 /// that something is unsafe.
-const LINTS: &str = "#[allow(clippy::all, dead_code, unused_imports, unused_labels, unused_mut, unused_variables)]
+const LINTS: &str =
+    "#[allow(clippy::all, dead_code, unused_imports, unused_labels, unused_mut, unused_variables)]
 #[warn(clippy::incompatible_msrv)]
 #[forbid(unsafe_code)]
 ";

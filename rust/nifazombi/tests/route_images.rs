@@ -286,6 +286,48 @@ fn payload_is_the_first_part_of_the_users_own() {
 }
 
 #[test]
+fn longest_around_in_stored_images() {
+    const AROUND: [(u32, u32, Option<usize>); 15] = [
+        (0x0000_0000, 0, None),
+        (0x0a00_0000, 7, None),
+        (0x0a00_0000, 8, Some(0)),
+        (0x0a00_0000, 15, Some(0)),
+        (0x0a00_0000, 16, Some(1)),
+        (0x0a01_0000, 17, Some(2)),
+        (0x0a01_0200, 23, Some(2)),
+        (0x0a01_0200, 24, Some(3)),
+        (0x0a01_0203, 32, Some(3)),
+        (0x0a02_0000, 16, Some(0)),
+        (0x8000_0000, 1, None),
+        (0x8000_0000, 2, Some(4)),
+        (0xa000_0000, 3, Some(4)),
+        (0xffff_fffe, 31, None),
+        (0xffff_ffff, 32, Some(6)),
+    ];
+    const WIDE_AROUND: [(u128, u32, usize); 7] = [
+        (0, 0, 0),
+        (DOCUMENTS, 31, 0),
+        (DOCUMENTS, 40, 1),
+        (DOCUMENTS, 64, 2),
+        (DOCUMENTS + (1 << 64), 64, 3),
+        (0xfe80 << 112, 9, 0),
+        (0xfe80 << 112, 10, 4),
+    ];
+    for (first, bits, index) in AROUND {
+        let found = table4(&stored()).longest_around(first.into(), bits);
+        assert_eq!(found, index, "{first:x} {bits}");
+    }
+    for (first, bits, index) in WIDE_AROUND {
+        let found = table6(&stored_wide()).longest_around(first.into(), bits);
+        assert_eq!(found, Some(index), "{first:x} {bits}");
+    }
+    // The link of 10.1.2.0/24 leads to itself.
+    let wrong = spoilt(&stored(), 173, 4);
+    let table = Table::<Ipv4Addr>::open(&wrong).unwrap();
+    assert_eq!(table.longest_around(Ipv4Addr::from(0x0a01_0200), 23), None);
+}
+
+#[test]
 fn get_below_and_longest_matches_in_a_stored_image() {
     let stored = stored();
     let (table, first) = (table4(&stored), Ipv4Addr::new(10, 0, 0, 0));

@@ -77,7 +77,12 @@ static void ask4(const uint8_t *image, size_t len, bool is_searched) {
             need(wrong || (nifazombi_ipv4_row_at(image, len, up - 1, &row) && row.link == next), "a row has another link");
             up = next;
         }
-        add(nifazombi_ipv4_get(image, len, row.first, row.bits));
+        size_t own = nifazombi_ipv4_get(image, len, row.first, row.bits);
+        size_t around = nifazombi_ipv4_longest_around(image, len, row.first, row.bits);
+        need(own <= count && around <= count, "a row of a network, or around it, that isn't there");
+        need(wrong || !own || around == own, "another network is longest around a row's own");
+        need(wrong || nifazombi_ipv4_longest_around(image, len, asked[i], 32) == longest, "an address alone has another row around");
+        add(own), add(around);
         nifazombi_span span;
         nifazombi_ipv4_below(image, len, row.first, row.bits, &span);
         need(span.first + span.count <= count, "rows that aren't there");
@@ -146,7 +151,12 @@ static void ask6(const uint8_t *image, size_t len, bool is_searched) {
             need(wrong || (nifazombi_ipv6_row_at(image, len, up - 1, &row) && row.link == next), "a row has another link");
             up = next;
         }
-        add(nifazombi_ipv6_get(image, len, row.first, row.bits));
+        size_t own = nifazombi_ipv6_get(image, len, row.first, row.bits);
+        size_t around = nifazombi_ipv6_longest_around(image, len, row.first, row.bits);
+        need(own <= count && around <= count, "a row of a network, or around it, that isn't there");
+        need(wrong || !own || around == own, "another network is longest around a row's own");
+        need(wrong || nifazombi_ipv6_longest_around(image, len, asked[i], 128) == longest, "an address alone has another row around");
+        add(own), add(around);
         nifazombi_span span;
         nifazombi_ipv6_below(image, len, row.first, row.bits, &span);
         need(span.first + span.count <= count, "rows that aren't there");

@@ -133,6 +133,10 @@ size_t nifazombi_ipv4_longest_values(
     uint32_t *found, size_t found_len,
     uint32_t *values, size_t values_len);
 
+// The row of the longest network that holds all of a network, its own where there is one, by its
+// index and one more, or 0 where none does.
+size_t nifazombi_ipv4_longest_around(const uint8_t *image, size_t image_len, uint32_t first, uint32_t bits);
+
 // The row of this very network, by its index and one more, or 0 where no row is of it.
 size_t nifazombi_ipv4_get(const uint8_t *image, size_t image_len, uint32_t first, uint32_t bits);
 
@@ -204,6 +208,10 @@ size_t nifazombi_ipv6_longest_values(
     const void *addresses, size_t addresses_len,
     uint32_t *found, size_t found_len,
     uint64_t *values, size_t values_len);
+
+// The row of the longest network that holds all of a network, its own where there is one, by its
+// index and one more, or 0 where none does.
+size_t nifazombi_ipv6_longest_around(const uint8_t *image, size_t image_len, const uint8_t first[16], uint32_t bits);
 
 // The row of this very network, by its index and one more, or 0 where no row is of it.
 size_t nifazombi_ipv6_get(const uint8_t *image, size_t image_len, const uint8_t first[16], uint32_t bits);

@@ -214,6 +214,11 @@ class Routes(Table):
     def __contains__(self, network: Network) -> bool:
         return bool(self._stored(network))
 
+    def longest_around(self, network: Network) -> typing.Optional[Route]:
+        """The route of the longest network that holds all of a network, its own where there is one, or None."""
+        found = self._family.calls.longest_around(self._at, self._len, *self._network(network))
+        return self._route(found - 1) if found else None
+
     def common_prefixes(self, address: Address) -> typing.List[Route]:
         """The routes of all networks that hold an address, the shortest first."""
         return [*self._climb(self._found(address), self._family.calls.above, self._route)][::-1]

@@ -72,6 +72,10 @@ def try_routes(version, most=128):
         assert [routes.above(it) for it in around] == [None, *around][:-1]
         alone = ipaddress.ip_network(address)
         assert routes.get(address, "none") == found.get(alone, "none") and (address in routes) == (alone in found)
+        wider = alone.supernet(random.randrange(alone.prefixlen + 1))
+        wide = [Route(it, found[it]) for it in order if wider.subnet_of(it)]
+        assert routes.longest_around(wider) == (wide[-1] if wide else None)
+        assert routes.longest_around(address) == (around[-1] if around else None)
     for network in order[:200]:
         assert routes[network] == routes.get(network) == routes.get(str(network)) == found[network]
         assert network in routes and str(network) in routes

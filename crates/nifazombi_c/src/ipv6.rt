@@ -3,7 +3,7 @@ ghost use Rattle.std.specs.Prelude.{◌≡◌, ◌↔◌, ◌⊎◌, ◌<◌, �
 ghost use Rattle.std.specs.List.{filter};
 ghost use Rattle.radix_keys.specs.Networks.{Net};
 ghost use Rattle.image_parts.specs.Parts.{HoldsPayload, row_count};
-ghost use Rattle.frozen_routes.specs.Routes.{AreInFront, IsLongestRow, IsOwnRow, is_inside};
+ghost use Rattle.frozen_routes.specs.Routes.{AreInFront, IsLongestAround, IsLongestRow, IsOwnRow, is_inside};
 ghost use Rattle.flat_routes.specs.Merged.{AreRowsAfter, CanMerge, IsMergeFault, is_removal6, merged_size, row_of_change6};
 ghost use Rattle.flat_routes.specs.Written.{CanWrite, ChangesWithin, IsImageOf, IsWriteFault, image_size};
 ghost use Rattle.flat_routes.specs.Faults.{IsRouteFault};
@@ -131,6 +131,24 @@ pub extern "C" fn nifazombi_ipv6_longest_values(
         (found_row of_ipv6 image.now (slice_index found.new k)) }
 {
     ipv6::longest_values(image, addresses, found, values)
+}
+
+/// The row of the longest network that holds all of a network, its own where there is one, by its
+/// index and one more, or 0 where none does.
+#[unsafe(no_mangle)]
+pub extern "C" fn nifazombi_ipv6_longest_around(image: &[u8], first: &[u8; 16], bits: u32) -> usize
+    ensures within { result ≤ row_count image.now }
+    ensures row { IsImage of_ipv6 image.now → IsLongestAround 128 (λ n. n)
+        (image_rows of_ipv6 image.now) (network (octet_number first.now) bits)
+        (found_row of_ipv6 image.now result) }
+{
+    let Ok(table) = Table::open(image) else {
+        return 0;
+    };
+    match table.longest_around(Ipv6Addr::from_number(u128::from_be_bytes(*first)), bits) {
+        Some(at) => at + 1,
+        None => 0,
+    }
 }
 
 /// The row of this very network, by its index and one more, or 0 where no row is of it.

@@ -165,6 +165,13 @@ impl<'a, A: Address> Routes<'a, A> {
         self.find(|table| table.row_at(index)).map(Route::from)
     }
 
+    /// The route of the longest network that holds all of a network: its own, where there is one.
+    /// Bits of its address behind the shared ones don't count.
+    pub fn longest_around(&self, network: A, bits: u8) -> Option<Route<A>> {
+        self.find(|table| table.row_at(table.longest_around(network, bits.into())?))
+            .map(Route::from)
+    }
+
     /// The route of this very network.
     pub fn get(&self, network: A, bits: u8) -> Option<Route<A>> {
         self.find(|table| table.row_at(table.get(network, bits.into())?)).map(Route::from)

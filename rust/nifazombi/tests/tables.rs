@@ -113,6 +113,8 @@ fn get_and_all_other_calls_by_hand() {
     assert_eq!(routes.get(long.network, 16), Some(long));
     assert_eq!(routes.get(long.network, 17), None);
     assert_eq!(routes.get(Ipv4Addr::new(10, 1, 0, 1), 16), None);
+    let around = [7, 8, 15, 16, 32].map(|bits| routes.longest_around(long.network, bits));
+    assert_eq!(around, [None, Some(wide), Some(wide), Some(long), Some(long)]);
     assert_both_ends(routes.common_prefixes(Ipv4Addr::new(10, 1, 2, 3)), &[wide, long]);
     assert_both_ends(routes.common_prefixes(Ipv4Addr::new(11, 0, 0, 0)), &[]);
     assert_eq!([0, 1, 2, 3].map(|at| routes.above(at)), [None, Some(0), None, None]);
@@ -323,6 +325,9 @@ fn compare_networks<A: Number>(routes: Routes<A>, table: &[Route<A>], address: A
     assert_both_ends(routes.below(address, bits), &below);
     below.retain(|it| it.bits == bits);
     assert_eq!(routes.get(network.network, bits), below.first().copied());
+    let mut around = table.to_vec();
+    around.retain(|it| it.bits <= bits && holds(it, address));
+    assert_eq!(routes.longest_around(address, bits), around.last().copied());
 }
 
 fn compare_with_a_search_through_all<A: Number>(count: usize) {
@@ -386,6 +391,7 @@ fn call_all<A: Number>(bytes: &[u8], random: &mut Random) {
         assert!(around.len() <= routes.len().min(129));
         assert!(around.clone().rev().eq(around.collect::<Vec<_>>().into_iter().rev()));
         assert!(index.is_none_or(|at| routes.above(at).is_none_or(|up| up < at)));
+        assert!(routes.longest_around(address, bits).is_none() || !routes.is_empty());
         let own = routes.get(address, bits);
         assert!(own.is_none_or(|it| (it.network, it.bits) == (address, bits)));
         let below = routes.below(address, bits);

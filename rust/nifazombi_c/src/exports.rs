@@ -153,6 +153,19 @@ pub unsafe extern "C" fn nifazombi_ipv4_longest_values(
     }
 }
 
+/// The row of the longest network that holds all of a network, its own where there is one, by its
+/// index and one more, or 0 where none does.
+#[unsafe(no_mangle)]
+pub unsafe extern "C" fn nifazombi_ipv4_longest_around(
+    image: *const u8,
+    image_len: usize,
+    first: u32,
+    bits: u32,
+) -> usize {
+    // SAFETY: callers pass live memory, and share only what is read, as the header asks.
+    unsafe { ipv4::nifazombi_ipv4_longest_around(slice(image, image_len), first, bits) }
+}
+
 /// The row of this very network, by its index and one more, or 0 where no row is of it.
 #[unsafe(no_mangle)]
 pub unsafe extern "C" fn nifazombi_ipv4_get(
@@ -353,6 +366,19 @@ pub unsafe extern "C" fn nifazombi_ipv6_longest_values(
             slice_mut(values, values_len),
         )
     }
+}
+
+/// The row of the longest network that holds all of a network, its own where there is one, by its
+/// index and one more, or 0 where none does.
+#[unsafe(no_mangle)]
+pub unsafe extern "C" fn nifazombi_ipv6_longest_around(
+    image: *const u8,
+    image_len: usize,
+    first: *const [u8; 16],
+    bits: u32,
+) -> usize {
+    // SAFETY: callers pass live memory, and share only what is read, as the header asks.
+    unsafe { ipv6::nifazombi_ipv6_longest_around(slice(image, image_len), &*first, bits) }
 }
 
 /// The row of this very network, by its index and one more, or 0 where no row is of it.
